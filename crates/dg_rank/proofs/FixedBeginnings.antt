@@ -1,12 +1,13 @@
 -- The first loss by boxes with a fixed beginning.
 --   loss_few       a loss of at most so many dollars holds nowhere more
 --   first_skip     the first loss that holds nothing before a place is the first of those from an earlier place on
+--   first_last     if all before the last place is fixed, one trial is left
 --   first_unpaid   the first loss where one dollar more can't be won
 --   fewer_lost     a loss without one of its dollars, which is taken
 --   loss_fails     where something can't be lost, a divisor fails its test
 --   all_told       what is told of all losses tells the test of equivalent amounts
 --   lost_at_last   where all can't be lost at the last vertex, a divisor fails its test
-use Rattle.dg_rank.proofs.Common.{◌≡◌, ◌≢◌, ℕ, ◌+◌, ◌-◌, ◌<◌, ◌≤◌, List, length, arith, refl, ◌∙◌, ⊎_elim, set, length-set, get_or-set_same, get_or-set_other, slice_index, ◌≤ℤ◌, cases_eq, cases_lt, ints, pos, ◌-ℤ◌, Multigraph, Amounts, degree, only_at, AreEquivalent, IsWinnable, minus, HasRankAtLeast, equivalent-refl, degree-less, degree-only_at, only_at-here, only_at-other, sum_below-one, sum_below-cong, equivalent-winnable, win_more, amounts_of_trial, TrialsWinFrom, IsFirstLossFrom, IsLossFrom, natural, Bool, true, false, not, is_some, Option, Some, None, MatchOption, MatchBool, IsTrial, WinsWithout, equivalent-rank, both_ways}
+use Rattle.dg_rank.proofs.Common.{◌≡◌, ◌≢◌, ℕ, ◌+◌, ◌-◌, ◌<◌, ◌≤◌, List, length, arith, refl, ap, ◌∙◌, ⊎_elim, set, length-set, get_or-set_same, get_or-set_other, slice_index, ◌≤ℤ◌, cases_eq, cases_lt, ints, pos, ◌-ℤ◌, Multigraph, Amounts, degree, only_at, AreEquivalent, IsWinnable, minus, HasRankAtLeast, equivalent-refl, degree-less, degree-only_at, only_at-here, only_at-other, sum_below-one, sum_below-cong, equivalent-winnable, win_more, amounts_of_trial, TrialsWinFrom, IsFirstLossFrom, IsLossFrom, natural, Bool, true, false, not, is_some, Option, Some, None, MatchOption, MatchBool, IsTrial, WinsWithout, equivalent-rank, both_ways}
 use Rattle.std.proofs.Math.IntN.{◌+ℤ◌}
 use Rattle.dg_rank.proofs.Elsewhere.{only_at-more, degree-given}
 use Rattle.dg_rank.proofs.TrialLists.{degree-trial}
@@ -42,6 +43,18 @@ first_skip g A r p q E past loss = record {
       }) earlier)
       (cases_lt u q);
 }
+
+pub first_last : (g : Multigraph) (A : Amounts) (r p : ℕ) (E K : List ℕ) → p + 1 ≡ g.size → length E ≡ g.size →
+    slice_index E (g.size - 1) ≡ r → ((u : ℕ) → u + 1 < g.size → slice_index E u ≡ 0) → IsLossFrom g A r p K →
+    IsFirstLossFrom g A r p E
+first_last g A r p E K end places held empty known =
+    first_at_last g A r p E (omega arith) places held empty
+    (λ win. known.loses (win_more g (minus A (amounts_of_trial E)) (minus A (amounts_of_trial K)) (λ v below. ⊎_elim
+    (λ (last : v ≡ g.size - 1).
+    let all : slice_index E v ≡ r = ap (slice_index E) last ∙ held in
+    omega (arith, ints, loss_few g A r p v K known below))
+    (λ (inner : v ≡ g.size - 1 → ⊥). omega (arith, ints, known.empty v (omega arith)))
+    (cases_eq v (g.size - 1))) win))
 
 pub first_unpaid : (g : Multigraph) (A : Amounts) (r p : ℕ) (E E' : List ℕ) → p < g.size → 1 ≤ r →
     TrialsWinFrom g A r (p + 1) → length E' ≡ g.size → slice_index E' (g.size - 1) ≡ r - 1 →

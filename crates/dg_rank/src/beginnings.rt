@@ -54,6 +54,9 @@ fn first_loss_from(
     ensures { IsFirstLossFrom graph.now (at left.now) dollars place result }
 {
     let size = graph.size();
+    if place + 1 == size {
+        return Trial::all_at_last(size, dollars);
+    }
     let Some(mut other) = after_loss(graph, left, place, 1) else {
         return Trial::all_at_last(size, dollars - 1).with_more(place, 1);
     };

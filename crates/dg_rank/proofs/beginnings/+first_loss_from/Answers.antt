@@ -1,11 +1,20 @@
 use Rattle.dg_rank.proofs.Common.{ℕ, ◌-◌, ◌≤◌, ◌∙◌, arith, only_at, pos, minus, at, equivalent-trans}
 use Rattle.dg_theory.proofs.Equivalence.{equivalent-sym}
-use Rattle.dg_rank.proofs.FixedBeginnings.{loss_few, first_skip, first_unpaid, fewer_lost}
+use Rattle.dg_rank.proofs.FixedBeginnings.{first_last, loss_few, first_skip, first_unpaid, fewer_lost}
 use Rattle.dg_rank.proofs.FirstFrom.{held_few, first_with}
 use Rattle.dg_rank.proofs.LastLosses.{last_back}
 use Rattle.dg_rank.proofs.LossBoxes.{class_small, taken_small}
 use Rattle.dg_rank.proofs.beginnings.+first_loss_from.Goals as goal
 use Rattle.dg_rank.proofs.beginnings.+first_loss_from.Goals.{After-size-size}
+
+pub returns-then-place-size : goal.returns-then-place-size
+returns-then-place-size t c =
+    first_last c.args.graph.now (at c.args.left.now) c.args.dollars c.args.place c.all_at_last.result c.args.known
+    (omega (arith, c.if-place-size.true, c.size-size.ensures.size))
+    (c.all_at_last.ensures.places ∙ c.size-size.ensures.size)
+    (rw c.size-size.ensures.size at c.all_at_last.ensures.held)
+    (rw c.size-size.ensures.size at c.all_at_last.ensures.empty)
+    c.requires.known.loss
 
 some : (t : ℕ) (c : After-size-size t) → 1 ≤ c.args.dollars
 some t c =
@@ -21,10 +30,11 @@ overflow_sub-dollars t c = some t (goal.at.overflow_sub-dollars t c).After-size-
 
 pub returns-in_default : goal.returns-in_default
 returns-in_default t c =
-    first_unpaid c.args.graph.now (at c.args.left.now) c.args.dollars c.args.place c.with_more.result c.all_at_last.result
+    let rest = c.all_at_last-in_default in
+    first_unpaid c.args.graph.now (at c.args.left.now) c.args.dollars c.args.place c.with_more.result rest.result
     c.requires.known.inside (some t (goal.at.returns-in_default t c).After-size-size) c.requires.known.later
-    (c.all_at_last.ensures.places ∙ c.size-size.ensures.size) (rw c.size-size.ensures.size at c.all_at_last.ensures.held)
-    (rw c.size-size.ensures.size at c.all_at_last.ensures.empty) c.with_more.ensures c.in_default.ensures
+    (rest.ensures.places ∙ c.size-size.ensures.size) (rw c.size-size.ensures.size at rest.ensures.held)
+    (rw c.size-size.ensures.size at rest.ensures.empty) c.with_more.ensures c.in_default.ensures
 
 pub overflow_sub-dollars-2 : goal.overflow_sub-dollars-2
 overflow_sub-dollars-2 t c = some t (goal.at.overflow_sub-dollars-2 t c).After-size-size

@@ -20,6 +20,5 @@ returns c = λ _ r.
       rw c.requires.size at c.total-held.ensures,
       c.from-lost.ensures,
       c.genus.ensures,
-      c.in-Ok.ensures.0,
       c.in-Ok.ensures.1,
     ))
