@@ -1,4 +1,4 @@
-//! The graph of the vertices that are left once leaves are folded, as a graph of its own: searches run on fewer vertices there.
+//! The graph of the vertices that are left once leaves are folded, as a graph of its own: its genus may be far smaller.
 ghost use Rattle.std.specs.Prelude.{◌≡◌, ℕ, ◌<◌, ◌≤◌, IfSome, slice_index};
 ghost use Rattle.std.specs.Bool.{OnTrue};
 ghost use Rattle.dg_theory.specs.Multigraph.{edges_between};
