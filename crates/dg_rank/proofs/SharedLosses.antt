@@ -6,6 +6,7 @@
 --   shares_same    who can bear them by one table can do so by another with the same prices
 --   dollar_told    for one dollar the prices for none and one are enough
 --   dollar_shift   and so they are once some dollars are lost
+--   beyond_told    where shares by a table with the prices beyond what was lost are told, so are those beyond
 --   DollarWins g A o d r v == v may lose no dollar, or A less its price is winnable
 --   payer_wins     what a divisor of the class can pay at a vertex can be paid
 --   dollar_shares  if each vertex can pay for a dollar, all shares of one dollar can be borne
@@ -13,7 +14,7 @@
 --   rows_by_shares if all shares can be borne of what the rows say that is held, for what they say that is paid, the rows win
 use Rattle.dg_rank.proofs.Common.{◌≡◌, ℕ, ◌+◌, ◌-◌, ◌<◌, ◌≤◌, ◌⊎◌, ◌∷◌, ◌≢◌, refl, inl, inr, ⊎_elim, Bool, true, false, List, [], arith, cases_eq, cases_lt, cases_Bool, get_or_past, by_lt_z, ints, length, set, replicate, get_or-replicate, get_or-set_same, get_or-set_other, slice_index, slice_index_or, ℤ, pos, ◌≤ℤ◌, ◌<ℤ◌, unsigned_abs, Option, Some, None, MatchOption, Result, Ok, Err, MatchResult, Multigraph, Amounts, degree, only_at, minus, degree-less, degree-only_at, only_at-here, only_at-other, sum_below-one, sum_below-two, equivalent-winnable, win_more, AreEquivalent, IsWinnable, IsInLinearSystem, Vector, at}
 use Rattle.std.proofs.Math.IntN.{◌+ℤ◌, ◌-ℤ◌}
-use Rattle.dg_rank.specs.Shares.{price, IsAfterShare, SharesWin, IsLackAt, AreFirstUnpaid, IsShifted}
+use Rattle.dg_rank.specs.Shares.{price, IsAfterShare, SharesWin, SharesWinBeyond, IsLackAt, AreFirstUnpaid, IsShifted}
 use Rattle.dg_rank.specs.Folding.{RowsWin, IsHeldByRows, ArePaidByRows}
 use Rattle.dg_rank.proofs.LossBoxes.{room_left}
 use Rattle.dg_theory.proofs.Searching.{AllBelow, FirstOf, first_or_all}
@@ -173,6 +174,12 @@ dollar_shift P o d v t here none here' one = record {
       rw second (one u apart))
       (cases_eq s 0);
 }
+
+pub beyond_told : (o : Option (List ℕ)) (g : Multigraph) (A : Amounts) (P Q : List (List ℕ)) (r : List ℕ) (j v t : ℕ)
+    (E : List ℕ → Type 0) → IsShifted P Q v t j → MatchOption o (SharesWin g A Q r j) E →
+    MatchOption o (SharesWinBeyond g A P r j v t) E
+beyond_told (Some s) g A P Q r j v t E shift told = told
+beyond_told None g A P Q r j v t E shift wins = (Q, shift, wins)
 
 abbrev pub DollarWins : Multigraph → Amounts → List ℕ → List ℕ → List ℕ → ℕ → Type 0
 DollarWins g A o d r v = (slice_index r v ≡ 0) ⊎ IsWinnable g (minus A (only_at v (pos (slice_index d v - slice_index o v))))

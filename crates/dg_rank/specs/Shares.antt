@@ -6,6 +6,7 @@
 --   IsLackAt n A P r j v t    == v may lose t dollars, some, and A holds less than it pays for them
 --   AreFirstUnpaid n A P r j l == of the numbers of dollars that v may lose the list l has the least for which A holds less
 --                                than v pays, or 0 if A holds as much for all
+--   SharesWinBeyond g A P r j v t == so is each such D of j dollars more, once t are lost at v and paid for
 --   IsShifted P Q v t j       == for up to j dollars as much is paid at v by Q as by P once t more are lost there, and as much
 --                                elsewhere
 use Rattle.std.specs.Prelude.{◌≡◌, ◌≢◌, ℕ, ◌+◌, ◌<◌, ◌≤◌, pos, ◌+ℤ◌, ◌<ℤ◌, ◌≤ℤ◌, List, [], slice_index}
@@ -43,3 +44,6 @@ pub record AreFirstUnpaid (n : ℕ) (A : Amounts) (P : List (List ℕ)) (r : Lis
 pub record IsShifted (P Q : List (List ℕ)) (v t j : ℕ) : Type 0 where
   pub here : (s : ℕ) → s ≤ j → price Q v s ≡ price P v (t + s)
   pub kept : (u s : ℕ) → u ≢ v → s ≤ j → price Q u s ≡ price P u s
+
+abbrev pub SharesWinBeyond : Multigraph → Amounts → List (List ℕ) → List ℕ → ℕ → ℕ → ℕ → Type 0
+SharesWinBeyond g A P r j v t = (Q : List (List ℕ)) × IsShifted P Q v t j × SharesWin g A Q r j

@@ -199,7 +199,6 @@ fn is_rich(
 ) -> bool
     requires size { left.now.size ≡ graph.now.size }
     requires effective { IsEffective graph.now.size (at left.now) }
-    requires small { HasSmallDegree graph.now.size (at left.now) }
     requires held { (v : ℕ) → v < graph.now.size → in_set unfolded v ≡ false → at left.now v ≡ pos 0 }
     requires paid { (v t : ℕ) → v < MAX_VERTICES → in_set unfolded v ≡ false → t ≤ dollars → price prices.now v t ≡ 0 }
     requires folded { AreFolded graph.now (in_set unfolded) }

@@ -4,15 +4,16 @@ ghost use Rattle.std.specs.Prelude.{◌≡◌, ◌≢◌, ◌∷◌, [], ◌≤�
 ghost use Rattle.dg_theory.specs.Firing.{IsEffective};
 ghost use Rattle.dg_chips.specs.Vector.{at};
 ghost use Rattle.dg_rank.specs.Losses.{HasSmallDegree};
-ghost use Rattle.dg_rank.specs.Shares.{price, SharesWin, AreFirstUnpaid, IsShifted};
+ghost use Rattle.dg_rank.specs.Shares.{price, SharesWin, SharesWinBeyond, AreFirstUnpaid, IsShifted};
 
 use crate::boxes::{Stopped, after_loss, held_at, last_of_most};
 use dg_graph::{Graph, MAX_VERTICES};
 use dg_reduce::EffectiveDivisor;
 use std::simd::prelude::*;
 
-/// A price for no dollar, for one, and so on: for so many numbers.
-pub(crate) const MAX_PLACES: usize = 64;
+/// A price for no dollar, for one, and so on: for so many numbers. A test within the limits loses at most 104 dollars on four
+/// vertices; with fewer vertices it may lose more, and boxes tell.
+pub(crate) const MAX_PLACES: usize = 105;
 
 /// What each vertex pays, by the dollars that are lost there: for none, for one, and so on.
 pub(crate) type Prices = [[u32; MAX_VERTICES]; MAX_PLACES];
@@ -23,6 +24,7 @@ pub(crate) type Prices = [[u32; MAX_VERTICES]; MAX_PLACES];
 /// the divisor that is at hand if that promises to be shorter.
 ///
 /// It stops after so many more such searches; the number is counted down.
+#[cycle(shares)]
 pub(crate) fn find_share(
     graph: &Graph,
     left: &EffectiveDivisor,
@@ -69,15 +71,7 @@ pub(crate) fn find_share(
             let mut beyond = open;
             beyond[v] -= more;
             let rest = dollars - more;
-            let found = if rest == 1 {
-                let none = with_price(&prices[0], v, prices[more as usize][v]);
-                let one = with_price(&prices[1], v, prices[more as usize + 1][v]);
-                find_dollar_share(graph, &other, none, one, &beyond)
-            } else {
-                let mut later = *prices;
-                shift(&mut later, v, more, rest);
-                find_share(graph, &other, &later, &beyond, rest, searches)?
-            };
+            let found = find_beyond(graph, &other, prices, &beyond, rest, searches, v, more)?;
             if let Some(losses) = found {
                 return Ok(Some(with_dollars(losses, v, more)));
             }
@@ -88,6 +82,42 @@ pub(crate) fn find_share(
         }
     }
     Ok(None)
+}
+
+/// A share of at most so many dollars that can't be borne, once some are lost at a vertex and paid for.
+#[cycle(shares)]
+fn find_beyond(
+    graph: &Graph,
+    left: &EffectiveDivisor,
+    prices: &Prices,
+    room: &[u32; 16],
+    dollars: u32,
+    searches: &mut u32,
+    v: usize,
+    lost: u32,
+) -> Result<Option<[u32; 16]>, Stopped>
+    requires size { left.now.size ≡ graph.now.size }
+    requires effective { IsEffective graph.now.size (at left.now) }
+    requires small { HasSmallDegree graph.now.size (at left.now) }
+    requires cheap { (u t : ℕ) → u < MAX_VERTICES → t < MAX_PLACES → price prices.now u t ≤ 1000 }
+    requires vertex { v < MAX_VERTICES }
+    requires some { 0 < lost }
+    requires few { lost + dollars < MAX_PLACES }
+    ensures { MatchResult result
+        (λ found. MatchOption found
+        (SharesWinBeyond graph.now (at left.now) prices.now room.now dollars v lost)
+        (λ _. ⊤))
+        (λ _. ⊤) }
+{
+    let _size = graph.size();
+    if dollars == 1 {
+        let none = with_price(&prices[0], v, prices[lost as usize][v]);
+        let one = with_price(&prices[1], v, prices[lost as usize + 1][v]);
+        return Ok(find_dollar_share(graph, left, none, one, room));
+    }
+    let mut later = *prices;
+    shift(&mut later, v, lost, dollars);
+    find_share(graph, left, &later, room, dollars, searches)
 }
 
 /// A share of one dollar that can't be borne, by the prices for none and for one; `None` if each can be. Whoever can pay for a

@@ -2,9 +2,9 @@ use Rattle.dg_rank.proofs.Common.{ℕ, ◌≡◌, ◌<◌, List, [], arith, refl
 use Rattle.dg_rank.specs.Shares.{price}
 use Rattle.dg_rank.proofs.folding.prices_by_rows.Goals as goal
 
-free : (u t : ℕ) → u < 16 → t < 64 → price (replicate 64 (replicate 16 0)) u t ≡ 0
+free : (u t : ℕ) → u < 16 → t < 105 → price (replicate 105 (replicate 16 0)) u t ≡ 0
 free u t below few =
-    rw (get_or-replicate {A = List ℕ} 64 t (replicate 16 0) [] few) (get_or-replicate {A = ℕ} 16 u 0 0 below)
+    rw (get_or-replicate {A = List ℕ} 105 t (replicate 16 0) [] few) (get_or-replicate {A = ℕ} 16 u 0 0 below)
 
 pub loop-t-init : goal.loop-t-init
 loop-t-init c = record {

@@ -7,7 +7,7 @@ loop-t-preserved c =
     let t = c.loop-t.t in
     let row = c.with_price-row.result in
     let before = c.loop-t.invariant in
-    let below : t < 64 = omega (arith, c.requires.few, c.loop-t-test.true, c.loop-t.auto.t-end) in
+    let below : t < 105 = omega (arith, c.requires.few, c.loop-t-test.true, c.loop-t.auto.t-end) in
     let at_row : (u : ℕ) → price (set c.loop-t.prices t row) u t ≡ slice_index row u =
     λ u. ap (λ (x : List ℕ). slice_index x u)
     (get_or-set_same c.loop-t.prices t row [] (omega (arith, below, before.places))) in

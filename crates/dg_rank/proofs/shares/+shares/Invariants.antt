@@ -1,15 +1,18 @@
 use Rattle.dg_rank.proofs.Common.{◌≡◌, ℕ, ◌+◌, ◌*◌, ◌<◌, ◌≤ℤ◌, pos, length, sum, slice_index, degree, IsEffective, MatchOption, at}
 use Rattle.dg_rank.specs.Shares.{SharesWin, AreFirstUnpaid}
-use Rattle.dg_rank.proofs.shares.+find_share.Given as goal
+use Rattle.dg_rank.proofs.shares.+shares.Given as goal
+
+abbrev pub decreases-find_beyond : goal.decreases-find_beyond
+decreases-find_beyond l = l.dollars * 2 + 1
 
 abbrev pub decreases-find_share : goal.decreases-find_share
-decreases-find_share l = l.dollars
+decreases-find_share l = l.dollars * 2
 
-abbrev pub decreases-lacking : goal.decreases-lacking
-decreases-lacking l = sum l.open * 4294967296 + l.lack.work
+abbrev pub decreases-find_share-lacking : goal.decreases-find_share-lacking
+decreases-find_share-lacking l = sum l.open * 4294967296 + l.lack.work
 
-abbrev pub invariant-lacking : goal.invariant-lacking
-invariant-lacking l = record {
+abbrev pub invariant-find_share-lacking : goal.invariant-find_share-lacking
+invariant-find_share-lacking l = record {
   places : length l.open ≡ 16;
   size : l.best.size ≡ l.graph.size;
   effective : IsEffective l.graph.size (at l.best);
