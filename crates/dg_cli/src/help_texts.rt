@@ -3,7 +3,7 @@
 
 /// The program's version, and the toolchain that it is proved with, which `tools/completion/check` compares with the one at
 /// hand.
-pub(crate) const VERSION: &str = "2.0.0\nproved with rattle-kit-13f, logic dac8208d650f15bf";
+pub(crate) const VERSION: &str = "2.0.0\nproved with rattle-kit-13b, logic dac8208d650f15bf";
 
 pub(crate) const FILE_HELP: &str = "The table: a JSON file; `dollar --help` shows one";
 
