@@ -203,5 +203,17 @@ def answers(checks):
             ends(checks, child, "a sweep")
 
 
+def long_sweeps(checks):
+    """A sweep takes no more memory for many lines than for few."""
+    table, room = checks.put("triangle", TRIANGLE), 2 << 20
+    for words, line, many in (([table, "--divisors"], b"2 -1 -1\n", 200_000), (["--lines"], b" ".join(TRIANGLE.split()) + b"\n", 50_000)):
+        peaks = []
+        for count in 1000, many:
+            run, peak = checks.peak("judge", *words, checks.put("lines", line * count))
+            checks.same("the answers of a sweep", (0, b"winnable by a=0 b=-1 c=-1 to a=0 b=0 c=0\n" * count, b""), tuple(run))
+            peaks.append(peak)
+        checks.holds("the memory of a long sweep", peaks[1] < peaks[0] + room, peaks)
+
+
 load_tests = checked(items_of_edges, lengths_of_amounts, names_of_files, parties, workers, capacities, seats, changes, untouched_input,
-                     texts, answers)
+                     texts, answers, long_sweeps)
