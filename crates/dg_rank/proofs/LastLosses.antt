@@ -12,7 +12,8 @@ use Rattle.dg_theory.proofs.Equivalence.{equivalent-less}
 use Rattle.dg_rank.specs.Boxes.{IsLastLoss}
 use Rattle.dg_rank.proofs.Elsewhere.{degree-given}
 use Rattle.dg_rank.proofs.FirstFrom.{IsOther, from_few, none_or_some, some_less, some_more, wins_other}
-use Rattle.dg_rank.proofs.LossBoxes.{nothing_lost}
+use Rattle.dg_rank.proofs.LossBoxes.{nothing_unpaid}
+use Rattle.dg_rank.specs.Prices.{paid}
 
 abbrev pub LastOrNone : Multigraph → Amounts → ℕ → ℕ → Option (ℕ × List ℕ) → Type 0
 LastOrNone g A r d found =
@@ -117,7 +118,7 @@ pub last_unpaid : (g : Multigraph) (A : Amounts) (r p : ℕ) (L E : List ℕ) �
     E ≡ set L p (slice_index L p + 1) → (¬ IsWinnable g (minus A (only_at p (pos 1)))) → IsLastLoss g A r p E
 last_unpaid g A r p L E inside some later places empty is lost =
     let B : Amounts = minus A (only_at p (pos 1)) in
-    let none = nothing_lost g B [] (r - 1) L places empty lost in
+    let none = nothing_unpaid g B (paid None []) [] (r - 1) L (λ v. refl) places empty lost in
     last_with g A B r p L E inside some (equivalent-refl g B B (λ v _. refl)) later (record {
       places = places;
       few = none.inside.few;

@@ -21,9 +21,7 @@ pub mod Starts
 pub mod AnyLoss
 -- Leaves that are folded.
 pub mod Leaves
-pub mod SharedLosses
-pub mod CoreWins
-pub mod CoreShares
+pub mod RowPrices
 -- Ranks and rank tests by the residual.
 pub mod SmallDegrees
 pub mod DualTests

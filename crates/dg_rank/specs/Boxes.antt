@@ -4,12 +4,8 @@
 --                                 most what the list r has there
 --   BoxWins g A r j            == A less each of these is winnable
 --   IsBoxLoss g A r j E        == the trial E is one of these, and A less E is not winnable
---   IsLackInBox n A r j o      == at o A holds less than may be lost there, or nowhere if there is no o
 --   HaveOnlyTwins g l         == whoever is in the set that the list l has at a vertex of g is a twin of that
 --                                 vertex
---   IsBoxTwin g A r v u      == u is v or a twin of it, A holds as much at both, and as much may be lost at both
---   IsTwinClosed g A r v h c == the list c is r, but for the number h at some vertices that are the same as
---                                 v in the box
 --   IsLossFrom g A r d E  == A less E is not winnable, where E is a trial of degree at most r that holds
 --                                 nothing before place d
 --   IsLastLoss g A r p E  == A less the trial E is not winnable, where E begins at p: it is of degree at most r, holds
@@ -22,7 +18,7 @@
 --   TellsFirstIf g A r d P x == x is this first trial, or they all win
 --   IsNotBefore n S F          == F does not come before the trial S
 --   HoldsAt p a F              == F holds a at least at place p
-use Rattle.std.specs.Prelude.{◌≡◌, ℕ, ◌+◌, ◌<◌, ◌≤◌, ◌⊎◌, true, pos, ◌<ℤ◌, ◌≤ℤ◌, List, Option, MatchOption, length, min, slice_index}
+use Rattle.std.specs.Prelude.{◌≡◌, ℕ, ◌+◌, ◌<◌, ◌≤◌, true, pos, ◌≤ℤ◌, List, Option, MatchOption, length, slice_index}
 use Rattle.dg_theory.specs.Firing.{Amounts, degree, IsEffective}
 use Rattle.dg_theory.specs.Multigraph.{Multigraph}
 use Rattle.dg_theory.specs.Play.{IsWinnable}
@@ -45,22 +41,8 @@ pub record IsBoxLoss (g : Multigraph) (A : Amounts) (r : List ℕ) (j : ℕ) (E 
   pub inside : IsInBox g.size r j (amounts_of_trial E)
   pub loses : ¬ WinsWithout g A E
 
-abbrev pub IsLackInBox : ℕ → Amounts → List ℕ → ℕ → Option ℕ → Type 0
-IsLackInBox n A r j o = MatchOption o
-    ((v : ℕ) → v < n → pos (min (slice_index r v) j) ≤ℤ A v)
-    (λ v. (v < n) × (A v <ℤ pos (min (slice_index r v) j)))
-
 abbrev pub HaveOnlyTwins : Multigraph → List ℕ → Type 0
 HaveOnlyTwins g l = (v u : ℕ) → v < g.size → in_set (slice_index l v) u ≡ true → AreTwins g v u
-
-pub record IsBoxTwin (g : Multigraph) (A : Amounts) (r : List ℕ) (v u : ℕ) : Type 0 where
-  pub twins : AreTwins g v u
-  pub held : A u ≡ A v
-  pub room : slice_index r u ≡ slice_index r v
-
-abbrev pub IsTwinClosed : Multigraph → Amounts → List ℕ → ℕ → ℕ → List ℕ → Type 0
-IsTwinClosed g A r v h c = (u : ℕ) → u < g.size →
-    (slice_index c u ≡ slice_index r u) ⊎ ((slice_index c u ≡ h) × IsBoxTwin g A r v u)
 
 pub record IsLossFrom (g : Multigraph) (A : Amounts) (r d : ℕ) (E : List ℕ) : Type 0 where
   pub places : length E ≡ g.size

@@ -21,7 +21,8 @@ use Rattle.std.specs.Int.RustNames.{unsigned_abs}
 use Rattle.dg_chips.specs.Vector.{Vector, at}
 use Rattle.dg_graph.specs.declared.graph.TheConstants.{MAX_VERTICES}
 use Rattle.dg_rank.specs.Losses.{HasSmallDegree}
-use Rattle.dg_rank.specs.Shares.{price}
+use Rattle.dg_rank.specs.Prices.{price}
+use Rattle.dg_rank.specs.declared.prices.Prices.{Prices}
 use Rattle.dg_theory.specs.Firing.{Amounts, degree, IsEffective}
 use Rattle.dg_theory.specs.Multigraph.{Multigraph, edges_between}
 use Rattle.dg_theory.specs.Play.{IsWinnable}
@@ -73,6 +74,6 @@ pub record IsHeldByRows (g : Multigraph) (L : ℕ → Bool) (W : List (List ℤ)
   pub unfolded : (v : ℕ) → v < g.size → L v ≡ true → at x v ≡ worth W v 0
   pub folded : (v : ℕ) → v < g.size → L v ≡ false → at x v ≡ pos 0
 
-pub record ArePaidByRows (L : ℕ → Bool) (W : List (List ℤ)) (k : ℕ) (P : List (List ℕ)) : Type 0 where
+pub record ArePaidByRows (L : ℕ → Bool) (W : List (List ℤ)) (k : ℕ) (P : Prices) : Type 0 where
   pub unfolded : (v t : ℕ) → v < MAX_VERTICES → L v ≡ true → t ≤ k → pos (price P v t) ≡ worth W v 0 -ℤ worth W v t
   pub folded : (v t : ℕ) → v < MAX_VERTICES → L v ≡ false → t ≤ k → price P v t ≡ 0

@@ -9,6 +9,5 @@ pub mod Numbering
 pub mod Losses
 pub mod Boxes
 pub mod Folding
-pub mod Cores
-pub mod Shares
+pub mod Prices
 pub mod Pieces

@@ -13,12 +13,11 @@ ghost use Rattle.dg_chips.specs.Vector.{at};
 ghost use Rattle.dg_rank.specs.Losses.{HasSmallDegree};
 ghost use Rattle.dg_rank.specs.Boxes.{BoxWins, IsBoxLoss};
 ghost use Rattle.dg_rank.specs.Folding.{worth, IsLeaf, IsOnlyIn, AreFolded, RowsWin, IsJoined, IsRounded, IsHeldByRows, ArePaidByRows};
-ghost use Rattle.dg_rank.specs.Shares.{price, SharesWin};
+ghost use Rattle.dg_rank.specs.Prices.{ArePrices};
 
-use crate::boxes::{Stopped, find_box_loss, held_at};
-use crate::cores::core_of;
+use crate::boxes::{Stopped, find_box_loss, find_unpaid};
 use crate::enumeration::Trial;
-use crate::shares::{MAX_PLACES, Prices, find_share};
+use crate::prices::{MAX_PLACES, PriceRow, Prices};
 use dg_chips::Wide;
 use dg_graph::{
     Graph, MAX_VERTICES, complement, contains, intersection, least_vertex, with_vertex,
@@ -43,7 +42,7 @@ type Row = [i32; MAX_PLACES];
 pub(crate) fn find_folded_loss(
     graph: &Graph,
     left: &EffectiveDivisor,
-    room: &[u32; 16],
+    room: &[u16; 16],
     dollars: u32,
     searches: u32,
 ) -> Result<Option<Trial>, Stopped>
@@ -83,7 +82,7 @@ pub(crate) fn find_folded_loss(
 }
 
 /// The row of each vertex before anything is folded into it.
-fn unfolded_rows(left: &EffectiveDivisor, room: &[u32; 16], dollars: usize) -> [Row; 16]
+fn unfolded_rows(left: &EffectiveDivisor, room: &[u16; 16], dollars: usize) -> [Row; 16]
     requires size { left.now.size ≤ MAX_VERTICES }
     requires small { HasSmallDegree left.now.size (at left.now) }
     requires effective { IsEffective left.now.size (at left.now) }
@@ -99,14 +98,14 @@ fn unfolded_rows(left: &EffectiveDivisor, room: &[u32; 16], dollars: usize) -> [
 }
 
 /// The row of a vertex into which nothing is folded, if it holds so much and as much may be lost there as there is room.
-fn unfolded_row(amount: i32, room: u32, dollars: usize) -> Row
+fn unfolded_row(amount: i32, room: u16, dollars: usize) -> Row
     requires low { pos 0 ≤ℤ amount }
     requires few { dollars < MAX_PLACES }
     ensures { (t : ℕ) → t ≤ dollars → slice_index_or result t (pos 0) ≡ amount -ℤ pos (min t room) }
 {
     let mut row = [0; MAX_PLACES];
     for t in 0..dollars + 1 {
-        row[t] = amount - (t as u32).min(room) as i32;
+        row[t] = amount - t.min(usize::from(room)) as i32;
     }
     row
 }
@@ -120,7 +119,7 @@ fn fold_leaves(
     rows: &mut [Row; 16],
     dollars: usize,
     searches: &mut u32,
-) -> Result<Option<[u32; 16]>, Stopped>
+) -> Result<Option<Trial>, Stopped>
     requires vertices { IsVertexSet graph.now.size (in_set unfolded) }
     requires folded { AreFolded graph.now (in_set unfolded) }
     requires leaves { leaves < MAX_VERTICES }
@@ -128,7 +127,7 @@ fn fold_leaves(
     ensures { MatchResult result
         (λ found. MatchOption found
         (RowsWin graph.now (in_set unfolded) rows.old dollars)
-        (λ _. ⊤))
+        (λ E. length E ≡ graph.now.size))
         (λ _. ⊤) }
 {
     let size = graph.size();
@@ -151,9 +150,10 @@ fn fold_leaves(
         return Ok(None);
     };
     // No clause bounds what the rows tell.
-    let part = joined.parts[(losses[parent] as usize).min(MAX_PLACES - 1)];
-    losses[parent] = losses[parent].saturating_sub(part);
-    losses[leaf] = part;
+    let all = losses.get(parent);
+    let part = joined.parts[(all as usize).min(MAX_PLACES - 1)];
+    losses.set(parent, all.saturating_sub(part));
+    losses.set(leaf, part);
     Ok(Some(losses))
 }
 
@@ -164,128 +164,34 @@ fn shared_losses(
     rows: &[Row; 16],
     dollars: usize,
     searches: &mut u32,
-) -> Result<Option<[u32; 16]>, Stopped>
-    requires folded { AreFolded graph.now (in_set unfolded) }
-    requires vertices { IsVertexSet graph.now.size (in_set unfolded) }
+) -> Result<Option<Trial>, Stopped>
     requires few { dollars < MAX_PLACES }
     ensures { MatchResult result
         (λ found. MatchOption found
         (RowsWin graph.now (in_set unfolded) rows.now dollars)
-        (λ _. ⊤))
+        (λ E. length E ≡ graph.now.size))
         (λ _. ⊤) }
 {
     let _size = graph.size();
-    let (Some(left), Some(prices)) = (
+    let (Some(mut left), Some(prices)) = (
         held_by_rows(graph, unfolded, rows),
         prices_by_rows(unfolded, rows, dollars),
     ) else {
         return Err(Stopped);
     };
-    let dollars = dollars as u32;
-    if is_rich(graph, unfolded, &left, &prices, dollars) {
-        return Ok(None);
-    }
-    find_share(graph, &left, &prices, &[dollars; 16], dollars, searches)
-}
-
-/// Whether the degree alone tells that all shares can be borne: each dollar lost costs a dollar at most, and what is left then
-/// has a degree of at least the genus of the core. False says nothing.
-fn is_rich(
-    graph: &Graph,
-    unfolded: u16,
-    left: &EffectiveDivisor,
-    prices: &Prices,
-    dollars: u32,
-) -> bool
-    requires size { left.now.size ≡ graph.now.size }
-    requires effective { IsEffective graph.now.size (at left.now) }
-    requires held { (v : ℕ) → v < graph.now.size → in_set unfolded v ≡ false → at left.now v ≡ pos 0 }
-    requires paid { (v t : ℕ) → v < MAX_VERTICES → in_set unfolded v ≡ false → t ≤ dollars → price prices.now v t ≡ 0 }
-    requires folded { AreFolded graph.now (in_set unfolded) }
-    requires vertices { IsVertexSet graph.now.size (in_set unfolded) }
-    requires few { dollars < MAX_PLACES }
-    ensures { result ≡ true → (r : List ℕ) → SharesWin graph.now (at left.now) prices.now r dollars }
-{
-    let _size = graph.size();
-    let (held, lost) = (total(left), u64::from(dollars));
-    if held < lost.saturating_add(genus_within(graph, unfolded)) {
-        return false;
-    }
-    if !costs_at_most_a_dollar(prices, dollars) {
-        return false;
-    }
-    let Some(core) = core_of(graph, unfolded) else {
-        return false;
-    };
-    let core_size = core.graph.size();
-    let Ok(genus) = u64::try_from(core.graph.genus()) else {
-        return false;
-    };
-    if core_size == 0 || held < lost + genus {
-        return false;
-    }
-    true
-}
-
-/// The sum of all amounts.
-fn total(left: &EffectiveDivisor) -> u64
-    requires few { left.now.size ≤ MAX_VERTICES }
-    requires effective { IsEffective left.now.size (at left.now) }
-    ensures { pos result ≡ degree left.now.size (at left.now) }
-{
-    let mut sum = 0;
-    for v in 0..left.size() {
-        sum += u64::from(held_at(left, v));
-    }
-    sum
-}
-
-/// The genus of the graph of some vertices, if that is connected. No clause says so: it is a guess.
-fn genus_within(graph: &Graph, set: u16) -> u64 {
-    let (mut ends, mut count) = (2u64, 0u64);
-    for v in 0..graph.size() {
-        if contains(set, v) {
-            ends = ends.saturating_add(edges_into(graph.row(v), set));
-            count = count.saturating_add(1);
-        }
-    }
-    (ends / 2).saturating_sub(count)
-}
-
-/// How many of a row's edges lead to vertices of a set; a guess, too.
-fn edges_into(row: &[u8; 16], set: u16) -> u64 {
-    let mut edges = 0u64;
-    for w in 0..MAX_VERTICES {
-        if contains(set, w) {
-            edges = edges.saturating_add(u64::from(row[w]));
-        }
-    }
-    edges
-}
-
-/// Whether each vertex pays at most a dollar for each that is lost there, of up to so many.
-fn costs_at_most_a_dollar(prices: &Prices, dollars: u32) -> bool
-    requires { dollars < MAX_PLACES }
-    ensures { result ≡ true → (v t : ℕ) → v < MAX_VERTICES → t ≤ dollars → price prices.now v t ≤ price prices.now v 0 + t }
-{
-    for t in 0..dollars as usize + 1 {
-        if !costs_at_most(&prices[0], &prices[t], t as u32) {
-            return false;
-        }
-    }
-    true
-}
-
-/// Whether each vertex pays at most so many dollars more by one row of prices than by another.
-fn costs_at_most(none: &[u32; 16], some: &[u32; 16], dollars: u32) -> bool
-    ensures { result ≡ true → (v : ℕ) → v < 16 → slice_index some.now v ≤ slice_index none.now v + dollars }
-{
-    for v in 0..16 {
-        if some[v].saturating_sub(none[v]) > dollars {
-            return false;
-        }
-    }
-    true
+    let (none, dollars) = ([0; 16], dollars as u16);
+    let room = [dollars; 16];
+    find_unpaid(
+        graph,
+        &mut left,
+        &none,
+        Some(&prices),
+        &none,
+        &room,
+        dollars,
+        true,
+        searches,
+    )
 }
 
 /// What the vertices that are left hold while nothing is lost, with what is folded into them; nobody else holds anything. `None`
@@ -306,40 +212,53 @@ fn held_by_rows(graph: &Graph, unfolded: u16, rows: &[Row; 16]) -> Option<Effect
     Some(EffectiveDivisor::of(&held))
 }
 
-/// What the vertices that are left pay, by their rows, and 0 for all others. `None` if one pays too much.
+/// What the vertices that are left pay, by their rows, and 0 for all others. `None` if one pays too much, or less for more.
 fn prices_by_rows(unfolded: u16, rows: &[Row; 16], dollars: usize) -> Option<Prices>
     requires few { dollars < MAX_PLACES }
-    ensures cheap { IfSome result (λ prices. (v t : ℕ) → v < MAX_VERTICES → t < MAX_PLACES →
-        price prices v t ≤ 1000) }
+    ensures prices { IfSome result ArePrices }
+    ensures most { IfSome result (λ P. P.most ≡ dollars) }
     ensures paid { IfSome result (ArePaidByRows (in_set unfolded) rows.now dollars) }
 {
-    let mut prices = [[0; MAX_VERTICES]; MAX_PLACES];
-    for t in 0..dollars + 1 {
-        prices[t] = prices_at(unfolded, rows, t)?;
+    let mut prices = [[0; MAX_PLACES]; MAX_VERTICES];
+    for v in 0..MAX_VERTICES {
+        if contains(unfolded, v) {
+            prices[v] = prices_by_row(&rows[v], dollars)?;
+        }
+    }
+    Some(Prices {
+        rows: prices,
+        most: dollars,
+    })
+}
+
+/// What a vertex pays, by its row, for each number of dollars up to one: what it is left with becomes less by so much. `None` if
+/// that is too much, or less for more.
+#[tactic(auto, using(crate::proofs::RowPrices::rising_set))]
+fn prices_by_row(row: &Row, dollars: usize) -> Option<PriceRow>
+    requires few { dollars < MAX_PLACES }
+    ensures rising { IfSome result (λ prices. (s t : ℕ) → s ≤ t → t ≤ dollars → slice_index prices s ≤ slice_index prices t) }
+    ensures cheap { IfSome result (λ prices. (t : ℕ) → t ≤ dollars → slice_index prices t ≤ 1000) }
+    ensures less { IfSome result (λ prices. (t : ℕ) → t ≤ dollars →
+        pos (slice_index prices t) ≡ slice_index_or row.now 0 (pos 0) -ℤ slice_index_or row.now t (pos 0)) }
+{
+    let mut prices = [0; MAX_PLACES];
+    for t in 1..dollars + 1 {
+        prices[t] = price_between(row[0], row[t], prices[t - 1])?;
     }
     Some(prices)
 }
 
-/// What each vertex that is left pays, by its row, for so many dollars: what it is left with becomes less by so much. `None` if
-/// that is too much.
-fn prices_at(unfolded: u16, rows: &[Row; 16], dollars: usize) -> Option<[u32; MAX_VERTICES]>
-    requires few { dollars < MAX_PLACES }
-    ensures cheap { IfSome result (λ prices. (v : ℕ) → v < MAX_VERTICES → slice_index prices v ≤ 1000) }
-    ensures unfolded { IfSome result (λ prices. (v : ℕ) → v < MAX_VERTICES → in_set unfolded v ≡ true →
-        pos (slice_index prices v) ≡ worth rows.now v 0 -ℤ worth rows.now v dollars) }
-    ensures folded { IfSome result (λ prices. (v : ℕ) → in_set unfolded v ≡ false → slice_index prices v ≡ 0) }
+/// What is paid where one amount becomes another; `None` if that is less than so much, or too much.
+fn price_between(before: i32, after: i32, least: u16) -> Option<u16>
+    ensures less { IfSome result (λ price. pos price ≡ before -ℤ after) }
+    ensures least { IfSome result (λ price. least ≤ price) }
+    ensures most { IfSome result (λ price. price ≤ 1000) }
 {
-    let mut prices = [0; MAX_VERTICES];
-    for v in 0..MAX_VERTICES {
-        if contains(unfolded, v) {
-            let price = rows[v][0].checked_sub(rows[v][dollars])?;
-            if price < 0 || price > 1000 {
-                return None;
-            }
-            prices[v] = price as u32;
-        }
+    let price = before.checked_sub(after)?;
+    if price < i32::from(least) || price > 1000 {
+        return None;
     }
-    Some(prices)
+    Some(price as u16)
 }
 
 /// A leaf of what is left of a graph, and its only neighbour there.
@@ -454,12 +373,12 @@ fn least_sum(first: &Row, second: &Row, place: usize) -> Option<(i32, usize)>
 }
 
 /// The room of a box, where it is more than the losses at a vertex narrowed to these.
-fn narrowed(room: &[u32; 16], losses: &[u32; 16]) -> [u32; 16]
+fn narrowed(room: &[u16; 16], losses: &Trial) -> [u16; 16]
     ensures { (v : ℕ) → slice_index result v ≤ slice_index room.now v }
 {
     let mut narrow = *room;
-    for v in 0..MAX_VERTICES {
-        narrow[v] = narrow[v].min(losses[v]);
+    for v in 0..losses.size() {
+        narrow[v] = narrow[v].min(losses.get(v).min(1000) as u16);
     }
     narrow
 }

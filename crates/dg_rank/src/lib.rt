@@ -4,7 +4,6 @@
 
 mod beginnings;
 mod boxes;
-mod cores;
 mod counting;
 mod duals;
 mod enumeration;
@@ -14,9 +13,9 @@ mod laws;
 mod losses;
 mod numbers;
 mod pieces;
+mod prices;
 mod rank_fault;
 mod ranks;
-mod shares;
 mod workers;
 
 pub use counting::{MAX_DEGREE, MAX_TRIALS, trial, trials};

@@ -10,7 +10,7 @@ ghost use Rattle.dg_rank.specs.Losses.{HasSmallDegree};
 use crate::boxes::{Stopped, find_box_loss};
 use crate::enumeration::Trial;
 use crate::folding::find_folded_loss;
-use crate::shares::MAX_PLACES;
+use crate::prices::MAX_PLACES;
 use dg_graph::Graph;
 use dg_reduce::EffectiveDivisor;
 
@@ -78,14 +78,15 @@ pub(crate) fn find_loss_soon(
 }
 
 /// Room for so many dollars at each vertex from a place on, and for none before.
-fn room_from(size: usize, dollars: u32, place: usize) -> [u32; 16]
+fn room_from(size: usize, dollars: u32, place: usize) -> [u16; 16]
     requires size { size ≤ 16 }
+    requires few { dollars ≤ 1000 }
     ensures before { (v : ℕ) → v < place → slice_index result v ≡ 0 }
     ensures past { (v : ℕ) → place ≤ v → v < size → slice_index result v ≡ dollars }
 {
     let mut room = [0; 16];
     for v in place..size {
-        room[v] = dollars;
+        room[v] = dollars as u16;
     }
     room
 }

@@ -1,6 +1,6 @@
 //! Amounts without debts, from which dollars are taken.
 
-ghost use Rattle.std.specs.Prelude.{◌≡◌, ℕ, ◌<◌, ◌≤◌, ◌^◌, ◌-◌, pos, ◌+ℤ◌, ◌-ℤ◌, ◌<ℤ◌, if◌then◌else◌, min, MatchBool, MatchOption, slice_index};
+ghost use Rattle.std.specs.Prelude.{◌≡◌, ℕ, ◌<◌, ◌≤◌, ◌^◌, ◌-◌, pos, ◌+ℤ◌, ◌-ℤ◌, ◌<ℤ◌, if◌then◌else◌, MatchBool, MatchOption, slice_index};
 ghost use Rattle.std.specs.List.{slice_index_or};
 ghost use Rattle.std.specs.Int.RustNames.{unsigned_abs};
 ghost use Rattle.dg_theory.specs.Multigraph.{valence};
@@ -71,21 +71,18 @@ impl EffectiveDivisor {
         dollars[v]
     }
 
-    /// How many dollars each vertex has less than the number there, or than `most` if that is less; 0 past the last vertex.
-    pub fn shortfalls(&self, numbers: &[u32; 16], most: u32) -> [u32; 16]
+    /// How many dollars each vertex has less than the number there.
+    pub fn shortfalls(&self, numbers: &[u16; 16]) -> [u16; 16]
         requires { IsEffective self.now.size (at self.now) }
-        ensures lacks { (v : ℕ) → v < self.now.size → slice_index result v
-            ≡ min (slice_index numbers.now v) most - unsigned_abs (at self.now v) }
-        ensures past { (v : ℕ) → self.now.size ≤ v → slice_index result v ≡ 0 }
+        ensures { (v : ℕ) → v < self.now.size →
+            slice_index result v ≡ slice_index numbers.now v - unsigned_abs (at self.now v) }
     {
-        let (size, amounts) = (self.size, &self.amounts);
+        let amounts = &self.amounts;
         let mut lacks = [0; 16];
         // As many rounds for each size are done by lanes.
         for v in 0..16 {
-            let lack = numbers[v]
-                .min(most)
-                .saturating_sub(amounts[v].unsigned_abs());
-            lacks[v] = if v < size { lack } else { 0 };
+            let held = amounts[v].clamp(0, 65_535) as u16;
+            lacks[v] = numbers[v].saturating_sub(held);
         }
         lacks
     }
