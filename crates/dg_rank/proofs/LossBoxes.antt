@@ -2,8 +2,8 @@
 --   Rises p j           == for up to j dollars nobody pays less for more
 --   IsShifted p q v t j == by q everybody pays what is paid by p, but at v once t dollars are lost
 --   in_few         what is in a box holds nowhere more than its dollars
---   paid_rises, paid_none, paid_cheap, paid_shifted      what is paid by prices or a dollar for each
---   told_fewer, told_more      prices tell of fewer dollars, and of the others once some are lost
+--   paid_rises, paid_none, paid_shifted      what is paid by prices, or a dollar for each
+--   told_more      prices tell of the other dollars once some are lost
 --   rich_pays      where each vertex holds what it may have to pay, all of the box is paid for
 --   room_left      what room is left once dollars are lost at a vertex
 --   payer_wins     what is held in a divisor of the class can be paid
@@ -15,9 +15,7 @@
 --   pays_beyond    those that lose more at a vertex are paid for
 --   twin_pays      if they are, so are those that lose more at one that is the same in the box
 --   pays_closed    so the box may be closed at all of these
---   one_closed     once more at a twin
 --   plain_told     where each dollar costs a dollar
---   sum_closed     and then less may be lost in all
 --   none_held      a trial of no dollars
 --   class_small    what is equivalent to small amounts is small
 --   taken_small    what is left once dollars are taken
@@ -25,14 +23,12 @@ use Rattle.dg_rank.proofs.Common.{◌≡◌, ◌≢◌, ℕ, ◌+◌, ◌-◌, �
 use Rattle.std.proofs.Common.{min}
 use Rattle.std.proofs.Math.IntN.{◌+ℤ◌, ◌-ℤ◌}
 use Rattle.dg_rank.proofs.Elsewhere.{degree-given, form_degree}
-use Rattle.std.proofs.lemmas.List.Sums.{sum_by-set}
-use Rattle.std.specs.List.{sum}
 use Rattle.dg_theory.proofs.Searching.{AllBelow, FirstOf, first_or_all}
 use Rattle.dg_rank.specs.declared.boxes.Stopped.{Stopped}
 use Rattle.dg_rank.specs.declared.prices.Prices.{Prices}
 use Rattle.dg_rank.specs.Prices.{price, paid, AreTold, left_after, BoxPays, IsUnpaid, AreCosts, IsPaidTwin, IsTwinClosed}
 use Rattle.std.proofs.lemmas.Bool.Decides.{nat_tests}
-use Rattle.dg_theory.specs.Twins.{AreTwins, exchange, exchanged}
+use Rattle.dg_theory.specs.Twins.{exchange, exchanged}
 use Rattle.dg_theory.proofs.Twins.{exchange-below, exchange-same, exchange-twice, sum_below-exchanged, win_exchanged}
 
 abbrev pub Rises : (ℕ → ℕ → ℕ) → ℕ → Type 0
@@ -55,12 +51,6 @@ paid_none (Some P) l v =
     let same : slice_index l v + 0 ≡ slice_index l v = omega arith in
     rw same (omega arith)
 
-pub paid_cheap : (o : Option Prices) (l : List ℕ) (j v t : ℕ) → AreTold o l j → v < 16 → t ≤ j → j ≤ 1000 →
-    paid o l v t ≤ 1000
-paid_cheap None l j v t told below few all = omega arith
-paid_cheap (Some P) l j v t (prices, most) below few all =
-    omega (arith, prices.cheap v (slice_index l v + t) (omega (arith, most v below)))
-
 pub paid_shifted : (o : Option Prices) (l : List ℕ) (v t j : ℕ) → AreTold o l j → v < 16 → v < length l →
     IsShifted (paid o l) (paid o (set l v (slice_index l v + t))) v t j
 paid_shifted None l v t j told below placed = record {
@@ -77,10 +67,6 @@ paid_shifted (Some P) l v t j (prices, most) below placed = record {
       rw (now, sum) (omega arith);
   kept = λ u s other. rw (get_or-set_other l v u (slice_index l v + t) 0 other) refl;
 }
-
-pub told_fewer : (o : Option Prices) (l : List ℕ) (j t : ℕ) → AreTold o l j → t ≤ j → AreTold o l t
-told_fewer None l j t told few = told
-told_fewer (Some P) l j t (prices, most) few = (prices, λ v below. omega (arith, most v below))
 
 pub told_more : (o : Option Prices) (l : List ℕ) (j v t : ℕ) → AreTold o l j → v < length l → t ≤ j →
     AreTold o (set l v (slice_index l v + t)) (j - t)
@@ -399,25 +385,6 @@ pays_closed (Some E) g A p q r c j v t graph below few placed some roomy rises s
   loses = loss.loses;
 }
 
-pub one_closed : (g : Multigraph) (A : Amounts) (p : ℕ → ℕ → ℕ) (r c : List ℕ) (v h u : ℕ) → u < length c → u < g.size →
-    h < slice_index r v → AreTwins g v u → A u ≡ A v → ((t : ℕ) → p u t ≡ p v t) → slice_index c u ≡ slice_index r v →
-    IsTwinClosed g A p r v h c → IsTwinClosed g A p r v h (set c u h)
-one_closed g A p r c v h u placed below low twins held paid room closed w inside = ⊎_elim
-    (λ (there : w ≡ u). rw there (inr (
-      get_or-set_same c u h 0 placed,
-      record {
-        twins = twins;
-        held = held;
-        room = ⊎_elim
-            (λ (same : slice_index c u ≡ slice_index r u). omega (arith))
-            (λ (twin : (slice_index c u ≡ h) × IsPaidTwin g A p r v u). twin.1.room)
-            (closed u below);
-        paid = paid;
-      },
-    )))
-    (λ (apart : w ≡ u → ⊥). rw (get_or-set_other c u w h 0 apart) (closed w inside))
-    (cases_eq w u)
-
 plain_box : (found : Option (List ℕ)) (g : Multigraph) (A : Amounts) (l r : List ℕ) (j : ℕ) →
     MatchOption found (BoxPays g A (paid None l) r j) (IsUnpaid g A (paid None l) r j) →
     MatchOption found (BoxWins g A r j) (IsBoxLoss g A r j)
@@ -432,9 +399,6 @@ pub plain_told : (told : Result (Option (List ℕ)) Stopped) (g : Multigraph) (A
     MatchResult told (λ found. MatchOption found (BoxWins g A r j) (IsBoxLoss g A r j)) S
 plain_told (Ok found) g A l r j S told = plain_box found g A l r j told
 plain_told (Err stopped) g A l r j S told = told
-
-pub sum_closed : (c : List ℕ) (u h : ℕ) → u < length c → h < slice_index c u → sum (set c u h) < sum c
-sum_closed c u h placed low = omega (arith, sum_by-set (λ (x : ℕ). x) c u h 0 placed)
 
 pub none_held : (n : ℕ) (E : List ℕ) → slice_index E (n - 1) ≡ 0 →
     ((u : ℕ) → u + 1 < n → slice_index E u ≡ 0) → (u : ℕ) → u < n → slice_index E u ≡ 0
