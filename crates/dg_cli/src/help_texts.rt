@@ -1,9 +1,9 @@
 //! What `dollar --help` and the help of each command say. Every command that is shown there with a `$` before it is run
 //! by `tests/pages`, on the table and the files that are shown, and its answer compared with what stands below it.
 
-/// The program's version, and the toolchain that it is proved with, which `tools/completion/check` compares with the one at
-/// hand.
-pub(crate) const VERSION: &str = "2.0.0\nproved with rattle-kit-13b, logic dac8208d650f15bf";
+/// The program's version, and the logic of the toolchain that it is proved with, which `tools/completion/check` compares with
+/// that of the one at hand. Kits of the toolchain that differ by a letter have the same logic.
+pub(crate) const VERSION: &str = "2.0.0\nproved with Rattle, logic dac8208d650f15bf";
 
 pub(crate) const FILE_HELP: &str = "The table: a JSON file; `dollar --help` shows one";
 
