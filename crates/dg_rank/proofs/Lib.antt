@@ -22,6 +22,7 @@ pub mod AnyLoss
 -- Leaves that are folded.
 pub mod Leaves
 pub mod RowPrices
+pub mod Spared
 -- Ranks and rank tests by the residual.
 pub mod SmallDegrees
 pub mod DualTests

@@ -7,6 +7,9 @@
 --   IsFoldedBy g L top == into which vertex of L, which are left, each vertex is folded, top tells: an edge leads from one
 --                         such part to another only between the vertices that are left
 --   AreFolded g L      == each vertex is folded into one of L
+--   folded_gain g L s x == what x gains by the script s along its edges to vertices outside of L
+--   IsSpared g L d     == with some dollars outside of L, from which nobody of L can draw anything while nobody there is in debt,
+--                         d more dollars are enough for the genus
 --   IsRounded m x y    == y is a multiple of m, and at most x
 --   IsJoined m k R U J == the row J is at most that of a vertex with the row R, once a leaf with the row U is folded into it
 --                         along m edges, for up to k dollars
@@ -15,7 +18,7 @@
 --   RowsWin g L W k    == each such D is winnable
 --   IsHeldByRows g L W x == x is small, and each vertex of L has its worth there while nothing is lost, and nobody else anything
 --   ArePaidByRows L W k P == by the table P each vertex of L pays what its worth becomes less by, and nobody else anything
-use Rattle.std.specs.Prelude.{◌≡◌, ℕ, ◌-◌, ◌<◌, ◌≤◌, ◌⊎◌, Bool, true, false, ℤ, pos, ◌+ℤ◌, ◌-ℤ◌, ◌*ℤ◌, ◌≤ℤ◌, List, []}
+use Rattle.std.specs.Prelude.{if◌then◌else◌, ◌≡◌, ℕ, ◌-◌, ◌<◌, ◌≤◌, ◌⊎◌, Bool, true, false, ℤ, pos, ◌+ℤ◌, ◌-ℤ◌, ◌*ℤ◌, ◌≤ℤ◌, List, []}
 use Rattle.std.specs.List.{slice_index_or}
 use Rattle.std.specs.Int.RustNames.{unsigned_abs}
 use Rattle.dg_chips.specs.Vector.{Vector, at}
@@ -23,8 +26,9 @@ use Rattle.dg_graph.specs.declared.graph.TheConstants.{MAX_VERTICES}
 use Rattle.dg_rank.specs.Losses.{HasSmallDegree}
 use Rattle.dg_rank.specs.Prices.{price}
 use Rattle.dg_rank.specs.declared.prices.Prices.{Prices}
-use Rattle.dg_theory.specs.Firing.{Amounts, degree, IsEffective}
-use Rattle.dg_theory.specs.Multigraph.{Multigraph, edges_between}
+use Rattle.dg_theory.specs.Firing.{Amounts, degree, gain, IsEffective}
+use Rattle.dg_theory.specs.Multigraph.{Multigraph, edges_between, genus}
+use Rattle.dg_theory.specs.Sums.{sum_below}
 use Rattle.dg_theory.specs.Play.{IsWinnable}
 
 abbrev pub worth : List (List ℤ) → ℕ → ℕ → ℤ
@@ -47,6 +51,16 @@ pub record IsFoldedBy (g : Multigraph) (L : ℕ → Bool) (top : ℕ → ℕ) : 
 
 abbrev pub AreFolded : Multigraph → (ℕ → Bool) → Type 0
 AreFolded g L = (top : ℕ → ℕ) × IsFoldedBy g L top
+
+abbrev pub folded_gain : Multigraph → (ℕ → Bool) → Amounts → ℕ → ℤ
+folded_gain g L s x = sum_below g.size (λ w. if L w then pos 0 else pos (edges_between g x w) *ℤ (s w -ℤ s x))
+
+pub record IsSpared (g : Multigraph) (L : ℕ → Bool) (d : ℕ) : Type 0 where
+  pub caps : Amounts
+  pub none : (v : ℕ) → L v ≡ true → caps v ≡ pos 0
+  pub total : genus g ≤ℤ (degree g.size caps +ℤ pos d)
+  pub draws : (s : Amounts) → ((v : ℕ) → v < g.size → L v ≡ false → pos 0 ≤ℤ (caps v +ℤ gain g s v)) →
+      (x : ℕ) → x < g.size → L x ≡ true → folded_gain g L s x ≤ℤ pos 0
 
 pub record IsRounded (m : ℕ) (x y : ℤ) : Type 0 where
   pub rounds : ℤ

@@ -3,6 +3,7 @@
 //! dollars are lost there, if nobody else there may stay in debt. At last shares of the dollars are searched, among the vertices
 //! that are left.
 ghost use Rattle.std.specs.Prelude.{false, List, ◌≡◌, ℕ, ◌+◌, ◌-◌, ◌<◌, ◌≤◌, ℤ, pos, ◌+ℤ◌, ◌-ℤ◌, ◌*ℤ◌, ◌≤ℤ◌, true, ⊤, min, length, IfSome, MatchOption, MatchResult, slice_index};
+ghost use Rattle.std.specs.Bool.{OnTrue};
 ghost use Rattle.std.specs.List.{slice_index_or};
 ghost use Rattle.dg_theory.specs.Firing.{IsEffective, degree};
 ghost use Rattle.dg_theory.specs.Multigraph.{edges_between};
@@ -12,11 +13,12 @@ ghost use Rattle.dg_graph.specs.Sets.{in_set};
 ghost use Rattle.dg_chips.specs.Vector.{at};
 ghost use Rattle.dg_rank.specs.Losses.{HasSmallDegree};
 ghost use Rattle.dg_rank.specs.Boxes.{BoxWins, IsBoxLoss};
-ghost use Rattle.dg_rank.specs.Folding.{worth, IsLeaf, IsOnlyIn, AreFolded, RowsWin, IsJoined, IsRounded, IsHeldByRows, ArePaidByRows};
-ghost use Rattle.dg_rank.specs.Prices.{ArePrices};
+ghost use Rattle.dg_rank.specs.Folding.{worth, IsLeaf, IsOnlyIn, AreFolded, RowsWin, IsSpared, IsJoined, IsRounded, IsHeldByRows, ArePaidByRows};
+ghost use Rattle.dg_rank.specs.Prices.{price, ArePrices};
 
-use crate::boxes::{Stopped, find_box_loss, find_unpaid};
+use crate::boxes::{Stopped, find_box_loss, find_unpaid, held_at};
 use crate::enumeration::Trial;
+use crate::numbers::failing_degree;
 use crate::prices::{MAX_PLACES, PriceRow, Prices};
 use dg_chips::Wide;
 use dg_graph::{
@@ -63,6 +65,7 @@ pub(crate) fn find_folded_loss(
         graph,
         complement(size, 0),
         size - 1,
+        failing_degree(graph),
         &mut rows,
         dollars as usize,
         &mut searches_left,
@@ -111,17 +114,20 @@ fn unfolded_row(amount: i32, room: u16, dollars: usize) -> Row
 }
 
 /// Folds the leaves of what is left of a graph, one vertex more than `leaves`, until there is no leaf. `None` if then all shares
-/// can be borne; else a loss, which the rows tell without proof: what each vertex loses, folded or not.
+/// can be borne; else a loss, which the rows tell without proof: what each vertex loses, folded or not. A leaf spares a dollar less
+/// than its edges of the genus.
 fn fold_leaves(
     graph: &Graph,
     unfolded: u16,
     leaves: usize,
+    genus: u32,
     rows: &mut [Row; 16],
     dollars: usize,
     searches: &mut u32,
 ) -> Result<Option<Trial>, Stopped>
     requires vertices { IsVertexSet graph.now.size (in_set unfolded) }
     requires folded { AreFolded graph.now (in_set unfolded) }
+    requires spared { IsSpared graph.now (in_set unfolded) genus }
     requires leaves { leaves < MAX_VERTICES }
     requires few { dollars < MAX_PLACES }
     ensures { MatchResult result
@@ -135,7 +141,7 @@ fn fold_leaves(
         if leaves + 1 == size {
             return Err(Stopped);
         }
-        return shared_losses(graph, unfolded, rows, dollars, searches);
+        return shared_losses(graph, unfolded, genus, rows, dollars, searches);
     };
     if leaves == 0 {
         return Err(Stopped);
@@ -146,7 +152,9 @@ fn fold_leaves(
     };
     rows[parent] = joined.row;
     let fewer = without_vertex(unfolded, leaf);
-    let Some(mut losses) = fold_leaves(graph, fewer, leaves - 1, rows, dollars, searches)? else {
+    let rest = genus.saturating_sub(u32::from(edges) - 1);
+    let Some(mut losses) = fold_leaves(graph, fewer, leaves - 1, rest, rows, dollars, searches)?
+    else {
         return Ok(None);
     };
     // No clause bounds what the rows tell.
@@ -161,10 +169,13 @@ fn fold_leaves(
 fn shared_losses(
     graph: &Graph,
     unfolded: u16,
+    genus: u32,
     rows: &[Row; 16],
     dollars: usize,
     searches: &mut u32,
 ) -> Result<Option<Trial>, Stopped>
+    requires folded { AreFolded graph.now (in_set unfolded) }
+    requires spared { IsSpared graph.now (in_set unfolded) genus }
     requires few { dollars < MAX_PLACES }
     ensures { MatchResult result
         (λ found. MatchOption found
@@ -179,6 +190,9 @@ fn shared_losses(
     ) else {
         return Err(Stopped);
     };
+    if is_rich(&left, &prices, genus) {
+        return Ok(None);
+    }
     let (none, dollars) = ([0; 16], dollars as u16);
     let room = [dollars; 16];
     find_unpaid(
@@ -192,6 +206,52 @@ fn shared_losses(
         true,
         searches,
     )
+}
+
+/// Whether the degree alone tells that all can be borne: each dollar lost costs a dollar at most, and once all are lost, the
+/// degree is still at least what leaves do not spare of the genus. False says nothing.
+fn is_rich(left: &EffectiveDivisor, prices: &Prices, genus: u32) -> bool
+    requires size { left.now.size ≤ MAX_VERTICES }
+    requires effective { IsEffective left.now.size (at left.now) }
+    requires few { prices.now.most < MAX_PLACES }
+    ensures rich { OnTrue result ((pos genus +ℤ pos prices.now.most) ≤ℤ degree left.now.size (at left.now)) }
+    ensures cheap { OnTrue result ((v t : ℕ) → v < MAX_VERTICES → t ≤ prices.now.most → price prices.now v t ≤ t) }
+{
+    if total(left) < u64::from(genus) + prices.most as u64 {
+        return false;
+    }
+    for v in 0..MAX_VERTICES {
+        if !costs_at_most_a_dollar(&prices.rows[v], prices.most) {
+            return false;
+        }
+    }
+    true
+}
+
+/// The sum of all amounts.
+fn total(left: &EffectiveDivisor) -> u64
+    requires few { left.now.size ≤ MAX_VERTICES }
+    requires effective { IsEffective left.now.size (at left.now) }
+    ensures { pos result ≡ degree left.now.size (at left.now) }
+{
+    let mut sum = 0;
+    for v in 0..left.size() {
+        sum += u64::from(held_at(left, v));
+    }
+    sum
+}
+
+/// Whether a vertex pays at most a dollar for each that is lost there, of up to so many.
+fn costs_at_most_a_dollar(prices: &PriceRow, most: usize) -> bool
+    requires { most < MAX_PLACES }
+    ensures { OnTrue result ((t : ℕ) → t ≤ most → slice_index prices.now t ≤ t) }
+{
+    for t in 0..most + 1 {
+        if usize::from(prices[t]) > t {
+            return false;
+        }
+    }
+    true
 }
 
 /// What the vertices that are left hold while nothing is lost, with what is folded into them; nobody else holds anything. `None`

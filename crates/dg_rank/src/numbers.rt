@@ -121,7 +121,7 @@ fn lesser_side(graph: &Graph, divisor: &Divisor) -> Side
 }
 
 /// A degree at which the side of the lesser rank fails its test: the genus.
-fn failing_degree(graph: &Graph) -> u32
+pub(crate) fn failing_degree(graph: &Graph) -> u32
     ensures few { result ≤ 1000 }
     ensures genus { genus graph.now ≤ℤ pos result }
 {
