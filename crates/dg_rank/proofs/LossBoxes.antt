@@ -222,8 +222,8 @@ unpaid_beyond g A p q r j v t E E' below few placed roomy most rises shift loss 
       (λ u low. ⊎_elim
       (λ (same : u ≡ v). rw same (
       let held : slice_index E v ≡ t + slice_index E' v = omega (arith, ints, more v, only_at-here v (pos t)) in
-      let within : t + slice_index E' v ≤ j =
-      omega (arith, ints, in_few g.size (j - t) v (set r v (slice_index r v - t)) (amounts_of_trial E') loss.inside below, most) in
+      let rest = in_few g.size (j - t) v (set r v (slice_index r v - t)) (amounts_of_trial E') loss.inside below in
+      let within : t + slice_index E' v ≤ j = omega (arith, ints, rest, most) in
       let here : left_after A p (amounts_of_trial E) v
       ≤ℤ left_after (minus A (only_at v (pos (p v t)))) q (amounts_of_trial E') v = omega (
         arith,
@@ -365,8 +365,8 @@ pays_closed None g A p q r c j v t graph below few placed some roomy rises shift
     let u = first.0 in ⊎_elim
     (λ (same : slice_index c u ≡ slice_index r u). absurd (omega (arith, ints, first.2, inside.within u first.1)))
     (λ (twin : (slice_index c u ≡ t - 1) × IsPaidTwin g A p r v u).
-    twin_pays g A p r j v t u graph below first.1 twin.1 (pays_beyond g A p q r j v t below few placed rises shift beyond) E inside
-    (omega (arith, ints, first.2, twin.0, some)))
+    twin_pays g A p r j v t u graph below first.1 twin.1 (pays_beyond g A p q r j v t below few placed rises shift beyond) E
+    inside (omega (arith, ints, first.2, twin.0, some)))
     (closed u first.1))
     (first_or_all g.size (λ u. E u ≤ℤ pos (slice_index c u)) (λ u. pos (slice_index c u) <ℤ E u)
     (λ u _. by_lt_z (pos (slice_index c u)) (E u) (λ (more : pos (slice_index c u) <ℤ E u). inr more)

@@ -1,8 +1,8 @@
 -- What folded leaves spare of the genus: a leaf on m edges adds m - 1 to the genus, but a dollar less than m on it draws nothing.
 --   spared_at_first  before anything is folded, nothing is spared
 --   spared_fold      a leaf that is folded spares a dollar less than its edges
---   rich_left        where each dollar lost costs a dollar at most, and what is left of the degree is at least what is not spared of
---                    the genus, all losses are paid for
+--   rich_left        where each dollar lost costs a dollar at most, and what is left of the degree is at least what is not spared
+--                    of the genus, all losses are paid for
 --   rich_rows        and so the rows win
 use Rattle.dg_rank.proofs.Common.{if◌then◌else◌, ◌≡◌, ◌≢◌, ℕ, ◌+◌, ◌-◌, ◌<◌, ◌≤◌, refl, sym, ap, ◌∙◌, ⊎_elim, Bool, true, false, List, arith, cases_eq, cases_Bool, both_ways, ints, ℤ, pos, negsuc, ◌-ℤ◌, ◌+ℤ◌, ◌≤ℤ◌, unsigned_abs, Multigraph, IsMultigraph, edges_between, genus, Amounts, degree, only_at, minus, IsEffective, replicate, get_or-replicate, slice_index, Some, Vector, at, degree-less, degree-only_at, only_at-here, only_at-other, sum_below-add, sum_below-cong, sum_below-zero}
 use Rattle.std.proofs.Common.{mul-suc}

@@ -1,7 +1,8 @@
 -- What is paid for losses, by a table of prices or a dollar for each; and boxes whose losses are paid for.
 --   price P v t           == what v pays for t dollars, by the table P
 --   ArePrices P           == for up to so many dollars as P tells, no price is below that for fewer, or above 1,000
---   paid o l v t          == what v pays for t dollars more, once those of the list l are lost: by the table o, or t if there is none
+--   paid o l v t          == what v pays for t dollars more, once those of the list l are lost: by the table o, or t if there is
+--                            none
 --   AreTold o l j         == the table o, if there is one, tells what is paid for j dollars more than those of the list l
 --   left_after A p E      == what is left of A once each vertex v has paid p v t for the t dollars that E loses there
 --   BoxPays g A p r j     == that is winnable for each E in the box of room r and j dollars

@@ -261,7 +261,8 @@ fn close(
     requires more { dollars < slice_index room.old v }
     requires twins { HaveOnlyTwins graph.now twins.now }
     requires told { AreTold (option_copied prices) lost.now dollars }
-    ensures closed { IsTwinClosed graph.now (at left.now) (paid (option_copied prices.entry) lost.now) room.old v dollars room.new }
+    ensures closed { IsTwinClosed graph.now (at left.now) (paid (option_copied prices.entry) lost.now) room.old v dollars
+        room.new }
     ensures fewer { sum room.new < sum room.old }
     ensures costs { (most : ℕ) → dollars ≤ most → AreCosts (paid (option_copied prices.entry) lost.now) room.old most costs.old →
         AreCosts (paid (option_copied prices.entry) lost.now) room.new most costs.new }
@@ -281,8 +282,8 @@ fn close(
     }
 }
 
-/// What is lacking in a box: a vertex that holds less than it may have to pay, with a number of dollars that it may lose, if there
-/// is one; and a guess at how long it takes to close the box.
+/// What is lacking in a box: a vertex that holds less than it may have to pay, with a number of dollars that it may lose, if
+/// there is one; and a guess at how long it takes to close the box.
 #[derive(Clone, Copy)]
 struct Lack {
     place: Option<(usize, u16)>,

@@ -1,7 +1,7 @@
 //! A search for a loss on graphs with leaves, each on any number of edges: leaf after leaf is folded into its only neighbour.
 //! What a vertex and all that is folded into it can bear is told by a row: the least that the vertex is left with once so many
-//! dollars are lost there, if nobody else there may stay in debt. At last shares of the dollars are searched, among the vertices
-//! that are left.
+//! dollars are lost there, if nobody else there may stay in debt. At last boxes are searched, in which each vertex that is left
+//! pays by its row.
 ghost use Rattle.std.specs.Prelude.{false, List, ◌≡◌, ℕ, ◌+◌, ◌-◌, ◌<◌, ◌≤◌, ℤ, pos, ◌+ℤ◌, ◌-ℤ◌, ◌*ℤ◌, ◌≤ℤ◌, true, ⊤, min, length, IfSome, MatchOption, MatchResult, slice_index};
 ghost use Rattle.std.specs.Bool.{OnTrue};
 ghost use Rattle.std.specs.List.{slice_index_or};
@@ -114,8 +114,8 @@ fn unfolded_row(amount: i32, room: u16, dollars: usize) -> Row
 }
 
 /// Folds the leaves of what is left of a graph, one vertex more than `leaves`, until there is no leaf. `None` if then all shares
-/// can be borne; else a loss, which the rows tell without proof: what each vertex loses, folded or not. A leaf spares a dollar less
-/// than its edges of the genus.
+/// can be borne; else a loss, which the rows tell without proof: what each vertex loses, folded or not. Of the genus a leaf
+/// spares a dollar less than its edges.
 fn fold_leaves(
     graph: &Graph,
     unfolded: u16,
@@ -294,16 +294,16 @@ fn prices_by_rows(unfolded: u16, rows: &[Row; 16], dollars: usize) -> Option<Pri
 /// What a vertex pays, by its row, for each number of dollars up to one: what it is left with becomes less by so much. `None` if
 /// that is too much, or less for more.
 #[tactic(auto, using(crate::proofs::RowPrices::rising_set))]
-fn prices_by_row(row: &Row, dollars: usize) -> Option<PriceRow>
+fn prices_by_row(amounts: &Row, dollars: usize) -> Option<PriceRow>
     requires few { dollars < MAX_PLACES }
     ensures rising { IfSome result (λ prices. (s t : ℕ) → s ≤ t → t ≤ dollars → slice_index prices s ≤ slice_index prices t) }
     ensures cheap { IfSome result (λ prices. (t : ℕ) → t ≤ dollars → slice_index prices t ≤ 1000) }
     ensures less { IfSome result (λ prices. (t : ℕ) → t ≤ dollars →
-        pos (slice_index prices t) ≡ slice_index_or row.now 0 (pos 0) -ℤ slice_index_or row.now t (pos 0)) }
+        pos (slice_index prices t) ≡ slice_index_or amounts.now 0 (pos 0) -ℤ slice_index_or amounts.now t (pos 0)) }
 {
     let mut prices = [0; MAX_PLACES];
     for t in 1..dollars + 1 {
-        prices[t] = price_between(row[0], row[t], prices[t - 1])?;
+        prices[t] = price_between(amounts[0], amounts[t], prices[t - 1])?;
     }
     Some(prices)
 }

@@ -58,7 +58,8 @@ loop-v-preserved c =
     let cost = slice_index c.most_costs-costs.result v in
     let below : v < g.size = omega (arith, c.loop-v-test.true, c.size-size.ensures.size) in
     let form : IsInLinearSystem g A c.give.new.self = given_back g (minus A (only_at v (pos c.from-price.result))) A
-    c.in-Some.other c.give.new.self v c.from-price.result c.in-Some.ensures c.give.ensures.size (λ w. omega (arith, ints)) c.give.ensures.amounts in
+    c.in-Some.other c.give.new.self v c.from-price.result c.in-Some.ensures c.give.ensures.size (λ w. omega (arith, ints))
+    c.give.ensures.amounts in
     let class = told_by true g (at c.args.left.now) A c.give.new.self c.loop-v.invariant.class.led form in
     record {
       class = class;
